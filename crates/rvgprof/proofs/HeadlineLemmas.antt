@@ -1,5 +1,5 @@
 -- What the commands leave that write or report a profile, where they are carried out.
-use Rattle.std.proofs.Common.{arith, ◌≡◌, ◌+◌, ◌*◌, ℕ, Bool, true, false, cond, ltb, ◌-◌, List, [], ◌∷◌, ◌++◌, append-nil, append_assoc, length, Option, Some, None, Result, Ok, Err, refl, sym, ap, subst, ◌∙◌}
+use Rattle.std.proofs.Common.{arith, ◌≡◌, ◌≢◌, ◌+◌, ◌*◌, ℕ, Bool, true, false, cond, ltb, ◌-◌, List, [], ◌∷◌, ◌++◌, append-nil, append_assoc, length, Option, Some, None, Result, Ok, Err, refl, sym, ap, subst, ◌∙◌}
 use Rattle.settings.specs.declared.setup.Setup.{Setup}
 use Rattle.std.specs.List.{list_all, All}
 use Rattle.mcount_arcs.specs.Arcs.{CallFits}
@@ -66,7 +66,7 @@ use Rattle.gmon_gnu.specs.ProfileText.{profile_text}
 use Rattle.text_lines.specs.Lines.{image_text, show_text}
 use Rattle.rvgprof.specs.Acceptance.{IsProgramFile, Starts, IsAccepted}
 use Rattle.command_inputs.specs.Totals.{total_of}
-use Rattle.rvgprof.specs.Headline.{Answered, DemoLeaves, ExecutionsAreListed, FoldedLeaves, ProfileLeaves, Holds, NamesDiffer, IsPrinted, Leaves, AnnotateLeaves, ReportLeaves, RunIsSummedUp, RunIsWritten, RunLeaves, ShowLeaves, SumLeaves, SymsLeaves, TimeIsShared, demo_printed, exact_section, printed_text, run_sources, sum_sources, reports_text}
+use Rattle.rvgprof.specs.Headline.{Answered, DemoLeaves, ExecutionsAreListed, FileHolds, FoldedLeaves, GmonSaysRun, ProfileLeaves, Holds, IsPrinted, asked, Leaves, AnnotateLeaves, ReportLeaves, RunIsSummedUp, RunIsWritten, RunLeaves, ShowLeaves, SumLeaves, SymsLeaves, TimeIsShared, demo_printed, exact_section, printed_text, run_sources, sum_sources, reports_text}
 use Rattle.rvgprof.specs.Fitting.{FileFits, SumIsProfile}
 use Rattle.rvgprof.specs.RunFile.{FitsFile, SaysProfile, SaysRun, gmon_text, memory_text, reported_profile, text_sizes, end_world}
 use Rattle.rvgprof.proofs.AcceptanceLemmas.{accepted}
@@ -206,6 +206,12 @@ demo_file : (words : List (List ℕ)) (elf : Option ℕ) (word : ℕ) (bytes : L
     → file_content (nth_word words word) (disk_after ((given_file_acts (option_map (nth_word words) elf) bytes ++ (prints ++ Out text ∷ [])) ++ Complain line ∷ []) d).files ≡ bytes
 demo_file words elf word bytes prints text line d keeps is = grind (arith, disk_after-append, file_written)
 
+-- what the word of an option names holds, is what its name holds
+held_by_name : (new : Outside) (words : List (List ℕ)) (word : Option ℕ) (text : List ℕ) → ((place : ℕ) → word ≡ Some place → FileHolds new (nth_word words place) text)
+    → IfSome (option_map (nth_word words) word) (λ name. FileHolds new name text)
+held_by_name new words None text each = tt
+held_by_name new words (Some place) text each = each place refl
+
 told_file : (old new : Option Disk) (f : Disk → Disk) (name text : List ℕ) → Becomes f old new → ((d : Disk) → file_content name (f d).files ≡ text) → IfSome new (λ d. file_content name d.files ≡ text)
 told_file old None f name text same holds = tt
 told_file None (Some new) f name text same holds = absurd cc
@@ -243,7 +249,7 @@ module _ (words : List (List ℕ)) (contents : ℕ → List ℕ) (elf gmon : ℕ
   run_fits next accepted starts within known = grind (arith, accepted_within, all_fit)
 
   -- the file that is left, where no file is written behind the run's own
-  file_holds : (rest : List Act) (d : Disk) → ((x : Disk) → disk_after rest x ≡ x) → NamesDiffer words gmon memory
+  file_holds : (rest : List Act) (d : Disk) → ((x : Disk) → disk_after rest x ≡ x) → option_map (nth_word words) memory ≢ Some (nth_word words gmon)
       → file_content (nth_word words gmon) (disk_after (due ++ rest) d).files ≡ gmon_text form bytes setup
   file_holds rest d keeps apart = grind (arith, disk_after-append, file_stays, file_written)
 
@@ -390,18 +396,19 @@ module _ (words : List (List ℕ)) (old mid new : Outside) (done : Done) (acted 
   -- a run, of which the acts that follow leave all files as they are
   run_is_written : (elf gmon : ℕ) (form : Form) (memory : Option ℕ) (setup : Setup) (rest : List Act) → FitsFile form (contents elf) setup
       → ((x : Disk) → disk_after rest x ≡ x) → Did (due words contents elf gmon form memory setup ++ rest) (with_openings acted.opens old) new
-      → RunIsWritten words new gmon form memory setup (contents elf)
-  run_is_written elf gmon form memory setup rest fits keeps did =
-      let program = contents elf in
-      let read = run_files_read_back form program setup fits in
-      let file : NamesDiffer words gmon memory → IfSome new.disk (λ d. file_content (nth_word words gmon) d.files ≡ gmon_text form program setup) =
-      λ apart. told_file old.disk new.disk _ (nth_word words gmon) (gmon_text form program setup) did.disk (λ d. file_holds words contents elf gmon form memory setup rest d keeps apart) in
-      record {
-        read = read;
-        file = file;
-        says = λ apart. says_run words program gmon form setup new.disk read (file apart);
-        runtime = λ place is. told_file old.disk new.disk _ (nth_word words place) (memory_text program setup) did.disk (λ d. memory_holds words contents elf gmon form memory setup rest d place keeps is);
-      }
+      → RunIsWritten new (asked words contents elf gmon form memory setup)
+  run_is_written elf gmon form memory setup rest fits keeps did = record {
+    read = run_files_read_back form (contents elf) setup fits;
+    file = λ apart. told_file old.disk new.disk _ (nth_word words gmon) (gmon_text form (contents elf) setup) did.disk
+        (λ d. file_holds words contents elf gmon form memory setup rest d keeps apart);
+    runtime = held_by_name new words memory (memory_text (contents elf) setup)
+        (λ place is. told_file old.disk new.disk _ (nth_word words place) (memory_text (contents elf) setup) did.disk (λ d. memory_holds words contents elf gmon form memory setup rest d place keeps is));
+  }
+
+  -- and so its file says it
+  run_is_said : (elf gmon : ℕ) (form : Form) (memory : Option ℕ) (setup : Setup) → RunIsWritten new (asked words contents elf gmon form memory setup)
+      → GmonSaysRun new (asked words contents elf gmon form memory setup)
+  run_is_said elf gmon form memory setup written = λ apart. says_run words (contents elf) gmon form setup new.disk written.read (written.file apart)
 
   -- what acts print was printed
   was_printed : (acts : List Act) (text : List ℕ) → prints_of acts ≡ text → Did acts (with_openings acted.opens old) new → Becomes (λ bytes. bytes ++ text) old.out new.out
@@ -413,7 +420,7 @@ module _ (words : List (List ℕ)) (old mid new : Outside) (done : Done) (acted 
   run_is_summed_up program setup acts ending is did = grind arith
 
   run_leaves : (elf gmon : ℕ) (form : Form) (memory : Option ℕ) (setup : Setup) → command_of words ≡ Some (Run elf gmon form memory setup) → IsRunSetup form setup
-      → RunLeaves words contents old new done elf gmon form memory setup
+      → RunLeaves words old new done (asked words contents elf gmon form memory setup)
   run_leaves elf gmon form memory setup said within =
       let command = Some (Run elf gmon form memory setup) in
       let acts = due words contents elf gmon form memory setup in
@@ -423,9 +430,11 @@ module _ (words : List (List ℕ)) (old mid new : Outside) (done : Done) (acted 
       let reply = run_goes words contents elf gmon form memory setup (λ i. sums_up) (well_done command said) in
       let fits = run_fits words contents elf gmon form memory setup (λ i. sums_up) taken.0 taken.1 within (all_known command said) in
       let did = subst (λ (acts : List Act). Did acts (with_openings acted.opens old) new) (append_assoc acts [] line) (done_by command _ said reply) in
+      let written = run_is_written elf gmon form memory setup line fits (λ x. refl) did in
       record {
         runs = record { accepted = taken.0; starts = taken.1 };
-        written = run_is_written elf gmon form memory setup line fits (λ x. refl) did;
+        written = written;
+        says = run_is_said elf gmon form memory setup written;
         output = was_printed (acts ++ line) _ (run_prints words contents elf gmon form memory setup line ∙ append-nil (prints_of prints)) did;
         run = run_is_summed_up (contents elf) setup (acts ++ line) (ended_by command _ said reply)
             (run_complains words contents elf gmon form memory setup line ∙ ap (λ (text : List ℕ). complaint_of prints ++ text) (append-nil last.line)) did;
@@ -474,7 +483,7 @@ module _ (words : List (List ℕ)) (old mid new : Outside) (done : Done) (acted 
       }
 
   profile_leaves : (elf gmon : ℕ) (form : Form) (memory : Option ℕ) (setup : Setup) (selection : Selection) → command_of words ≡ Some (Profile elf gmon form memory setup selection) → IsRunSetup form setup
-      → ProfileLeaves words contents old new done elf gmon form memory setup (chosen_by words selection)
+      → ProfileLeaves words old new done (asked words contents elf gmon form memory setup) (chosen_by words selection)
   profile_leaves elf gmon form memory setup selection said within =
       let command = Some (Profile elf gmon form memory setup selection) in
       let chosen = chosen_by words selection in
@@ -491,14 +500,18 @@ module _ (words : List (List ℕ)) (old mid new : Outside) (done : Done) (acted 
       let reply = ran ∙ ap (behind acts) printed in
       let printed_last = (reply_to contents (reports contents chosen sources _)).acts in
       let did = subst (λ (acts : List Act). Did acts (with_openings acted.opens old) new) (append_assoc acts printed_last line) (done_by command _ said reply) in
+      let written = run_is_written elf gmon form memory setup (printed_last ++ line) fits (reports_keep contents chosen sources _ last.line) did in
       record {
-        runs = record { accepted = taken.0; starts = taken.1 };
-        written = run_is_written elf gmon form memory setup (printed_last ++ line) fits (reports_keep contents chosen sources _ last.line) did;
+        headline = record {
+          runs = record { accepted = taken.0; starts = taken.1 };
+          says = run_is_said elf gmon form memory setup written;
+          shared = cut_is_shared chosen (image_of program) (reported_profile program setup) (in_order program taken.0.accepted);
+        };
+        written = written;
         output = was_printed (acts ++ (printed_last ++ line)) _ (run_prints words contents elf gmon form memory setup (printed_last ++ line)
             ∙ ap (λ (text : List ℕ). prints_of w.prints ++ text) (reports_print contents chosen sources _ last.line)) did;
         run = run_is_summed_up program setup (acts ++ (printed_last ++ line)) (ended_by command _ said reply ∙ reports_end contents chosen sources _)
             (run_complains words contents elf gmon form memory setup (printed_last ++ line) ∙ ap (λ (text : List ℕ). complaint_of w.prints ++ text) (reports_complain contents chosen sources _ last.line)) did;
-        shared = cut_is_shared chosen (image_of program) (reported_profile program setup) (in_order program taken.0.accepted);
         fits = taken.2;
       }
 

@@ -71,36 +71,57 @@ exact_section true s = codes "\n" ++ exact_text s.symbols s.graph (exact_flow_in
 abbrev pub printed_text : Chosen → Sources → List ℕ
 printed_text chosen s = reports_text chosen.shown chosen.hidden s ++ exact_section chosen.exact s
 
--- The word of `--image`, where there is one, isn't that of GMON: what is said of GMON's file is said where the memory of
+-- A run that words ask for: of which program, how, and where its files go, by their names.
+pub record Asked : Type 0 where
+  -- the bytes of the program's file
+  pub program : List ℕ
+  pub setup : Setup
+  -- GMON, and the form of its file
+  pub gmon : List ℕ
+  pub form : Form
+  -- the file that `--image` names, for the memory of the runtime
+  pub memory : Option (List ℕ)
+
+-- the one that the words of `run` and `profile` ask for; ELF, GMON and the word of `--image` are positions of words
+abbrev pub asked : List (List ℕ) → (ℕ → List ℕ) → ℕ → ℕ → Form → Option ℕ → Setup → Asked
+asked words contents elf gmon form memory setup =
+    record { program = contents elf; setup = setup; gmon = nth_word words gmon; form = form; memory = option_map (nth_word words) memory }
+
+-- The name of `--image`, where there is one, isn't that of GMON: what is said of GMON's file is said where the memory of
 -- the runtime isn't written into it. Two words that differ are taken for two files.
-abbrev pub NamesDiffer : List (List ℕ) → ℕ → Option ℕ → Type 0
-NamesDiffer words gmon memory = option_map (nth_word words) memory ≢ Some (nth_word words gmon)
+abbrev pub NamesDiffer : Asked → Type 0
+NamesDiffer r = r.memory ≢ Some r.gmon
 
 -- where the output is told: a text was printed on it, and nothing else
 abbrev pub IsPrinted : List ℕ → Outside → Outside → Type 0
 IsPrinted text old new = Becomes (λ bytes. bytes ++ text) old.out new.out
 
--- where the files are told, the one that a word names holds a text
+-- where the files are told, the one of a name holds a text
+abbrev pub FileHolds : Outside → List ℕ → List ℕ → Type 0
+FileHolds new name text = IfSome new.disk (λ d. file_content name d.files ≡ text)
+
+-- the one that a word names, by its position
 abbrev pub Holds : List (List ℕ) → Outside → ℕ → List ℕ → Type 0
-Holds words new word text = IfSome new.disk (λ d. file_content (nth_word words word) d.files ≡ text)
+Holds words new word text = FileHolds new (nth_word words word) text
 
 -- A program is accepted, and nothing refuses the start of a run of it.
 pub record Runs (program : List ℕ) (setup : Setup) : Type 0 where
   pub accepted : IsProgramFile program
   pub starts : Starts program setup
 
+-- Where the files are told, GMON says the run: its samples in each bucket, up to 65,535, and its calls by pairs, as many
+-- as arcs have room for, the latest first of each call site (`SaysRun`).
+abbrev pub GmonSaysRun : Outside → Asked → Type 0
+GmonSaysRun new r = NamesDiffer r → IfSome new.disk (λ d. SaysRun r.form r.program r.setup (file_content r.gmon d.files))
+
 -- The file of a run is written, and that of its runtime's memory where one is named.
-pub record RunIsWritten (words : List (List ℕ)) (new : Outside) (gmon : ℕ) (form : Form)
-    (memory : Option ℕ) (setup : Setup) (program : List ℕ) : Type 0 where
+pub record RunIsWritten (new : Outside) (r : Asked) : Type 0 where
   -- the file of the run is read as its records, and what it says is what is reported
-  pub read : SaysRun form program setup (gmon_text form program setup)
-  -- GMON holds it, where `--image` names no file or another ..
-  pub file : NamesDiffer words gmon memory → Holds words new gmon (gmon_text form program setup)
-  -- .. and so GMON is read
-  pub says : NamesDiffer words gmon memory
-      → IfSome new.disk (λ d. SaysRun form program setup (file_content (nth_word words gmon) d.files))
+  pub read : SaysRun r.form r.program r.setup (gmon_text r.form r.program r.setup)
+  -- GMON holds it, where `--image` names no file or another
+  pub file : NamesDiffer r → FileHolds new r.gmon (gmon_text r.form r.program r.setup)
   -- the file that is named for it holds the memory of the runtime, also where that is GMON
-  pub runtime : (place : ℕ) → memory ≡ Some place → Holds words new place (memory_text program setup)
+  pub runtime : IfSome r.memory (λ name. FileHolds new name (memory_text r.program r.setup))
 
 -- A run is summed up: in the answer, and in the end line, of which a prefix is printed where complaining fails.
 pub record RunIsSummedUp (words : List (List ℕ)) (old new : Outside) (done : Done)
@@ -142,13 +163,13 @@ pub record TimeIsShared (hists : List Hist) (s : Sources) : Type 0 where
   pub entries : sum_below (component_count s.graph) (λ c. when (is_root s.graph c && has_own_entry s c) (shown_total s c)) ≡ attributed_of s.shares
 
 -- what `run` leaves
-pub record RunLeaves (words : List (List ℕ)) (contents : ℕ → List ℕ) (old new : Outside) (done : Done)
-    (elf gmon : ℕ) (form : Form) (memory : Option ℕ) (setup : Setup) : Type 0 where
-  pub runs : Runs (contents elf) setup
-  pub written : RunIsWritten words new gmon form memory setup (contents elf)
+pub record RunLeaves (words : List (List ℕ)) (old new : Outside) (done : Done) (r : Asked) : Type 0 where
+  pub runs : Runs r.program r.setup
+  pub written : RunIsWritten new r
+  pub says : GmonSaysRun new r
   -- what the program prints on the output was printed
-  pub output : IsPrinted (prints_of (end_world (contents elf) setup).prints) old new
-  pub run : RunIsSummedUp words old new done setup (contents elf)
+  pub output : IsPrinted (prints_of (end_world r.program r.setup).prints) old new
+  pub run : RunIsSummedUp words old new done r.setup r.program
 
 -- what is reported of files: the sum of what they say, without the calls that are cut
 abbrev pub sum_sources : Chosen → (ℕ → List ℕ) → ℕ → List ℕ → Sources
@@ -210,17 +231,26 @@ abbrev pub ExecutionsAreListed : Type 0
 ExecutionsAreListed = (program : List ℕ) (setup : Setup) (contents : ℕ → List ℕ) (gmon i : ℕ) → SaysRun Gnu program setup (contents gmon) → setup.blocks ≡ true → i < instructions_of (text_sizes program setup)
     → runs_at ((text_sizes program setup).low + 4 * i) (total_of contents (gmon ∷ [])).blocks ≡ executions_at (end_world program setup).ran ((text_sizes program setup).low + 4 * i)
 
+-- The headline, of `profile`.
+pub record Headline (new : Outside) (r : Asked) (chosen : Chosen) : Type 0 where
+  -- for an accepted program, with its budget and its schedule of harts ..
+  pub runs : Runs r.program r.setup
+  -- .. the written gmon.out holds each bucket's samples up to 65,535 and, until arcs run out, each pair's entered calls,
+  -- latest first per call site ..
+  pub says : GmonSaysRun new r
+  -- .. and in the report, which is made from these, every caller's share is its callee's time in proportion to calls, and
+  -- the entries without outside callers together hold every attributed sample
+  pub shared : TimeIsShared (reported_profile r.program r.setup).hists (run_sources chosen r.program r.setup)
+
 -- what `profile` leaves
-pub record ProfileLeaves (words : List (List ℕ)) (contents : ℕ → List ℕ) (old new : Outside) (done : Done)
-    (elf gmon : ℕ) (form : Form) (memory : Option ℕ) (setup : Setup) (chosen : Chosen) : Type 0 where
-  pub runs : Runs (contents elf) setup
-  pub written : RunIsWritten words new gmon form memory setup (contents elf)
+pub record ProfileLeaves (words : List (List ℕ)) (old new : Outside) (done : Done) (r : Asked) (chosen : Chosen) : Type 0 where
+  pub headline : Headline new r chosen
+  pub written : RunIsWritten new r
   -- what the program prints, and then the reports, were printed
-  pub output : IsPrinted (prints_of (end_world (contents elf) setup).prints
-      ++ printed_text chosen (run_sources chosen (contents elf) setup)) old new
-  pub run : RunIsSummedUp words old new done setup (contents elf)
-  pub shared : TimeIsShared (reported_profile (contents elf) setup).hists (run_sources chosen (contents elf) setup)
-  pub fits : wide_step chosen.exact (run_sources chosen (contents elf) setup) ≡ None
+  pub output : IsPrinted (prints_of (end_world r.program r.setup).prints ++ printed_text chosen (run_sources chosen r.program r.setup)) old new
+  pub run : RunIsSummedUp words old new done r.setup r.program
+  -- no step of the exact times is too wide, where these are asked for
+  pub fits : wide_step chosen.exact (run_sources chosen r.program r.setup) ≡ None
 
 -- what a demo's summary is made from
 abbrev pub demo_sources : ℕ → Setup → Sources
@@ -256,9 +286,9 @@ Leaves words contents old new done (Some (Sum out gmons)) = SumLeaves words cont
 Leaves words contents old new done (Some (Report elf gmons selection)) =
     ReportLeaves contents old new elf gmons (chosen_by words selection)
 Leaves words contents old new done (Some (Run elf gmon form memory setup)) =
-    RunLeaves words contents old new done elf gmon form memory setup
+    RunLeaves words old new done (asked words contents elf gmon form memory setup)
 Leaves words contents old new done (Some (Profile elf gmon form memory setup selection)) =
-    ProfileLeaves words contents old new done elf gmon form memory setup (chosen_by words selection)
+    ProfileLeaves words old new done (asked words contents elf gmon form memory setup) (chosen_by words selection)
 Leaves words contents old new done (Some (Demo functions elf setup)) = DemoLeaves words old new done functions elf setup
 Leaves words contents old new done (Some (Annotate elf gmons)) = AnnotateLeaves contents old new elf gmons
 Leaves words contents old new done (Some (Folded elf inclusive setup)) =

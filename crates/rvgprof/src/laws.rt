@@ -56,13 +56,14 @@ pub fn acceptance()
         ↔ IsAccepted words contents (command_of words) }
 {}
 
-/// What is accepted is carried out, unless a call on the host failed or memory ran out.
+/// A command is carried out exactly where it is accepted, unless a call on the host failed or memory ran out: for some
+/// contents of its inputs, which are those of the files where the host tells them.
 pub fn accepted_is_done()
     ensures { (words : List (List ℕ)) (old new : Outside) (result : Result Done Fault)
         → Answered words old new result → NoneFailed words old new
-        → ((contents : ℕ → List ℕ) → WhereTold old new (λ files. contents ≡ contents_of words files)
-        → IsAccepted words contents (command_of words))
-        → (result ≡ Err OutOfMemory) ⊎ IsOk result }
+        → (result ≡ Err OutOfMemory) ⊎ ((contents : ℕ → List ℕ)
+        × WhereTold old new (λ files. contents ≡ contents_of words files)
+        × (IsOk result ↔ IsAccepted words contents (command_of words))) }
 {}
 
 /// Words that say a demo are accepted, whatever the inputs: its program is never refused, and a run of it
