@@ -2,11 +2,11 @@
 #include <signal.h>
 #include <unistd.h>
 
-int kill(pid_t process, int signal) {
+__attribute__((weak)) int kill(pid_t process, int signal) {
     (void)process;
     _exit(128 + signal);
 }
 
-pid_t getpid(void) {
+__attribute__((weak)) pid_t getpid(void) {
     return 1;
 }

@@ -18,6 +18,8 @@ _start:
         call    _exit
 #else
         call    __libc_init_array       # .preinit_array, .init_array
+        lw      a0, board_argc
+        la      a1, board_argv
         call    main
         call    exit                    # what atexit was given, and destructors
 #endif
