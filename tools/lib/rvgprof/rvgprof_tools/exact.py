@@ -3,11 +3,10 @@
 import collections
 import os
 import subprocess
-import sys
 import tempfile
 
 from .functions import profiled
-from .running import Refused, look_at, operand, passed_over, program, readable, started
+from .running import Refused, input_lines, look_at, operand, passed_over, program, readable, started
 from .stacks import lines_of_run, stacks_in
 
 # The hooks' own functions, which execute nothing: a sample of one is taken in place of the instruction after its call.
@@ -53,7 +52,7 @@ def exact_stacks(elf, options, printed=None):
 def flow_in(name, options):
     """What the stacks in a file, on the input (`-`), or of a run of a program say."""
     if name == "-":
-        return Flow.of(without_hooks(stacks_in(sys.stdin.buffer, "the input")))
+        return Flow.of(without_hooks(stacks_in(input_lines(), "the input")))
     if is_program(name):
         return Flow.of(exact_stacks(name, options))
     with open(name, "rb") as file:

@@ -1,5 +1,6 @@
 """How a tool asks rvgprof, says why it stops, and puts its text out."""
 
+import contextlib
 import os
 import re
 import shutil
@@ -100,10 +101,29 @@ def readable(name):
 
 
 def tell(text):
-    """Says something in a line beside the output."""
+    """Says something in a line on the error output, if that can be written."""
     tool = os.path.basename(sys.argv[0])
     tool = tool if tool.startswith("rvgprof-") else f"rvgprof-{tool}"
-    print(f"{tool}: {readable(str(text).encode('utf-8', 'surrogateescape'))}", file=sys.stderr)
+    with contextlib.suppress(OSError):
+        os.write(2, f"{tool}: {readable(str(text).encode('utf-8', 'surrogateescape'))}\n".encode())
+
+
+def input_lines():
+    """The lines on the input."""
+    try:
+        with open(0, "rb", closefd=False) as lines:
+            yield from lines
+    except OSError as error:
+        raise Refused(f"the input: {error.strerror}") from error
+
+
+def hold_closed_files():
+    """Opens an input or an output that is closed, so that no file or pipe takes its number. It can't be read or written."""
+    for number, other_way in ((0, os.O_WRONLY), (1, os.O_RDONLY), (2, os.O_RDONLY)):
+        try:
+            os.fstat(number)
+        except OSError:
+            os.open(os.devnull, other_way)
 
 
 def put_out(text):
@@ -116,16 +136,16 @@ def put_out(text):
 
 
 def put_lines(lines):
-    """Puts lines on the output, some thousand at a time."""
+    """Puts lines of text or bytes on the output, some thousand at a time."""
     waiting, size = [], 0
     for line in lines:
-        waiting.append(line)
+        waiting.append(line if isinstance(line, bytes) else line.encode())
         size += len(line)
         if size > 1 << 16:
-            put_out(("\n".join(waiting) + "\n").encode())
+            put_out(b"\n".join(waiting) + b"\n")
             waiting, size = [], 0
     if waiting:
-        put_out(("\n".join(waiting) + "\n").encode())
+        put_out(b"\n".join(waiting) + b"\n")
 
 
 def number_of(options, name, otherwise):
@@ -140,6 +160,7 @@ def ended(main, doc, refused=None):
     """Runs a tool with the words of the command line. Where rvgprof refuses, the status is its own, and 1 where the tool
     does; or one status for both."""
     words = sys.argv[1:]
+    hold_closed_files()
     try:
         if words in (["-h"], ["--help"]):
             put_out(doc.encode())
@@ -152,3 +173,7 @@ def ended(main, doc, refused=None):
         sys.exit(refused or end.args[0])
     except KeyboardInterrupt:
         sys.exit(130)
+    except MemoryError:
+        pass    # behind this block what was read is let go, and there is memory again
+    tell("there is too little memory for this")
+    sys.exit(refused or 1)
