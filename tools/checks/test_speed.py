@@ -44,16 +44,17 @@ class Table(unittest.TestCase):
 
     def test_what_was_not_measured_has_no_ratio(self):
         self.assertEqual(speed.ratio(1, None), "-")
-        self.assertEqual(speed.line_of_times(speed.Row("show", ""), {"own": 0.02, "plain": 0.01}).split(), ["show", "20.0", "2.00", "-", "-", "-"])
+        self.assertEqual(speed.line_of_times(speed.Row("show", ""), {"own": 0.02, "plain": 0.01}).split(), ["show", "20.0", "2.00", "-", "-"])
 
     def test_a_run_has_its_rate(self):
         row = speed.Row("run", "", instructions=3_000_000)
-        self.assertEqual(speed.line_of_times(row, {"own": 0.5, "old": 1.0}).split(), ["run", "500.0", "-", "-", "0.50", "6.0"])
+        self.assertEqual(speed.line_of_times(row, {"own": 0.5, "old": 1.0}).split(), ["run", "500.0", "-", "0.50", "6.0"])
 
-    def test_gprof_is_beside_what_it_does_too(self):
-        with_gprof = speed.commands_of(speed.Row("a", "report e g", "-b e g"), {"own": "p"})
-        self.assertEqual(with_gprof, {"own": ["p", "report", "e", "g"], "gprof": [speed.GPROF, "-b", "e", "g"]})
-        self.assertEqual(speed.commands_of(speed.Row("a", "show g"), {"own": "p"}), {"own": ["p", "show", "g"]})
+    def test_each_program_has_the_words_of_a_row(self):
+        self.assertEqual(speed.commands_of(speed.Row("a", "show g"), {"own": "p", "old": "q"}), {"own": ["p", "show", "g"], "old": ["q", "show", "g"]})
+
+    def test_gprof_does_what_rows_do(self):
+        self.assertLessEqual(set(speed.BY_GPROF), {row.name for row in speed.ROWS})
 
     def test_the_count_of_valgrind(self):
         self.assertEqual(speed.collected_in("==1== Events    : Ir\n==1== Collected : 1234567\n"), 1234567)
