@@ -133,7 +133,7 @@ fn new_at(case: &Case<'_>, call: u64) -> u64 {
     let all = case.names.len() as u64;
     let each = (case.calls / all.max(1)).max(1);
     let at = call % each;
-    if !case.old.is_empty() && at == 2 || at + 2 == each {
+    if !case.old.is_empty() && at == 2 || at.saturating_add(2) == each {
         all
     } else {
         call.saturating_add(1) / each
