@@ -3,7 +3,9 @@
 import re
 import unittest
 
-import claim
+import theorem
+import theorem_sources
+import theorem_text
 
 TOP = """//! The call.
 ghost use Rattle.std.specs.Prelude.{◌≡◌, ℕ};
@@ -88,8 +90,8 @@ SMALL = {"low/src/top.rt": TOP, "low/src/kinds.rt": KINDS, "low/specs/Here.antt"
 
 
 def small_text(texts):
-    files = dict(claim.file_of(name, text) for name, text in texts.items())
-    return claim.body_of(claim.Claim(files, [("All", "All of it.", [*claim.contracts_in(files, "low", "src.top")])]))
+    files = dict(theorem_sources.file_of(name, text) for name, text in texts.items())
+    return theorem_text.body_of(theorem.Theorem(files, [("All", [*theorem.contracts_in(files, "low", "src.top")])]))
 
 
 class Small(unittest.TestCase):
@@ -97,10 +99,10 @@ class Small(unittest.TestCase):
         """The definitions whose text changes with that of a file."""
         self.assertIn(old, SMALL[name])
         texts = {**SMALL, name: SMALL[name].replace(old, new)}
-        return {name for name, _ in claim.changes(small_text(SMALL), small_text(texts))}
+        return {name for name, _ in theorem_text.changes(small_text(SMALL), small_text(texts))}
 
     def test_all_is_there(self):
-        names = claim.pieces_of(small_text(SMALL)).keys()
+        names = theorem_text.pieces_of(small_text(SMALL)).keys()
         self.assertEqual(names, {"f", "impl Sort", "Kind", "twice", "both", "other", "Pair", "whole"})
 
     def test_a_body_and_a_private_contract_are_passed_over(self):
@@ -133,7 +135,7 @@ class Small(unittest.TestCase):
     def test_a_place_is_told_apart(self):
         moved = {name.replace("low/specs/Words", "high/specs/Words"): text.replace("low.specs.Words", "high.specs.Words")
                  for name, text in SMALL.items()}
-        told = dict(claim.changes(small_text(SMALL), small_text(moved)))
+        told = dict(theorem_text.changes(small_text(SMALL), small_text(moved)))
         self.assertEqual(told, {"headings, words and places:": ["-<!-- low Words -->", "+<!-- high Words -->"]})
 
 
@@ -211,24 +213,24 @@ SAME = [
 
 
 class Crates(unittest.TestCase):
-    FILES = claim.all_files()
+    FILES = theorem_sources.all_files()
 
     def texts(self, name, pattern, new):
         """The text, and that of the crates with another file."""
-        old = (claim.CRATES / name).read_text()
+        old = (theorem_sources.CRATES / name).read_text()
         text = re.sub(pattern, new, old, count=1, flags=re.S)
         self.assertNotEqual(text, old, f"{name} lacks {pattern}")
-        key, file = claim.file_of(name, text)
-        return claim.text_of(claim.Claim({**self.FILES, key: file}))
+        key, file = theorem_sources.file_of(name, text)
+        return theorem_text.text_of(theorem.Theorem({**self.FILES, key: file}))
 
     def test_what_says_less_is_seen(self):
-        text = claim.text_of(claim.Claim(self.FILES))
+        text = theorem_text.text_of(theorem.Theorem(self.FILES))
         for row in WEAKENED:
             with self.subTest(row[0], of=row[1]):
                 self.assertTrue(self.texts(*row) != text)
 
     def test_what_says_the_same_is_passed_over(self):
-        text = claim.text_of(claim.Claim(self.FILES))
+        text = theorem_text.text_of(theorem.Theorem(self.FILES))
         for row in SAME:
             with self.subTest(row[0], of=row[1]):
                 self.assertTrue(self.texts(*row) == text)
