@@ -167,13 +167,13 @@ def ended(main, doc, refused=None):
             return
         sys.exit(main(words))
     except Refused as refusal:
-        tell(refusal)
-        sys.exit(refused or 1)
+        why = str(refusal)
+    except MemoryError:
+        why = "there is too little memory for this"
     except Ended as end:
         sys.exit(refused or end.args[0])
     except KeyboardInterrupt:
         sys.exit(130)
-    except MemoryError:
-        pass    # behind this block what was read is let go, and there is memory again
-    tell("there is too little memory for this")
+    # Here all is let go that was read, and what was asked has ended and said its own line.
+    tell(why)
     sys.exit(refused or 1)
