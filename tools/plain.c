@@ -658,25 +658,26 @@ static int ecall(void) {
 }
 
 // One instruction. It answers whether it retired.
-static inline int step(void) {
+static inline __attribute__((always_inline)) int step(void) {
     if (pc & 3 || !is_inside(pc, 4)) return trap("fetch-outside");
     u32 w = u32_at(ram + (pc - base)), rd = w >> 7 & 31, f3 = w >> 12 & 7, f7 = w >> 25, next = pc + 4;
     u32 a = x[w >> 15 & 31], b = x[w >> 20 & 31], value = 0, addr;
     int32_t i = (int32_t)w >> 20;
-    switch (w & 127) {
-    case 0x37: value = w & 0xFFFFF000; break;
-    case 0x17: value = pc + (w & 0xFFFFF000); break;
-    case 0x6F:
+    if ((w & 3) != 3) return trap("illegal");
+    switch (w >> 2 & 31) {
+    case 0x37 >> 2: value = w & 0xFFFFF000; break;
+    case 0x17 >> 2: value = pc + (w & 0xFFFFF000); break;
+    case 0x6F >> 2:
         value = next;
         next = pc + ((int32_t)(w & 0x80000000) >> 11 | (w & 0xFF000) | (w >> 9 & 0x800) | (w >> 20 & 0x7FE));
         if (next & 3) return trap("jump-misaligned");
         break;
-    case 0x67:
+    case 0x67 >> 2:
         if (f3) return trap("illegal");
         value = next, next = (a + i) & ~1u;
         if (next & 3) return trap("jump-misaligned");
         break;
-    case 0x63: {
+    case 0x63 >> 2: {
         int taken;
         switch (f3) {
         case 0: taken = a == b; break;
@@ -692,7 +693,7 @@ static inline int step(void) {
         rd = 0;
         break;
     }
-    case 0x03: {
+    case 0x03 >> 2: {
         u32 size = 1u << (f3 & 3);
         if (f3 == 3 || f3 > 5) return trap("illegal");
         addr = a + i;
@@ -708,7 +709,7 @@ static inline int step(void) {
         }
         break;
     }
-    case 0x23: {
+    case 0x23 >> 2: {
         u32 size = 1u << f3;
         if (f3 > 2) return trap("illegal");
         addr = a + ((int32_t)(w & 0xFE000000) >> 20 | (w >> 7 & 31));
@@ -718,7 +719,7 @@ static inline int step(void) {
         rd = 0;
         break;
     }
-    case 0x13:
+    case 0x13 >> 2:
         switch (f3) {
         case 0: value = a + i; break;
         case 1: if (f7) return trap("illegal"); value = a << (i & 31); break;
@@ -730,7 +731,7 @@ static inline int step(void) {
         case 7: value = a & i; break;
         }
         break;
-    case 0x33:
+    case 0x33 >> 2:
         switch (f7 << 3 | f3) {
         case 0x000: value = a + b; break;
         case 0x100: value = a - b; break;
@@ -753,8 +754,8 @@ static inline int step(void) {
         default: return trap("illegal");
         }
         break;
-    case 0x0F: if (f3 > 1) return trap("illegal"); rd = 0; break;
-    case 0x73:
+    case 0x0F >> 2: if (f3 > 1) return trap("illegal"); rd = 0; break;
+    case 0x73 >> 2:
         if (w == 0x00100073) return trap("breakpoint");
         if (w != 0x00000073) return trap("illegal");
         if (ecall()) pc = next;
@@ -778,13 +779,13 @@ static void count_call(u32 site, u32 callee) {
 }
 
 // A turn, but for the sample. It answers whether an instruction retired.
-static inline int turn(void) {
+static inline __attribute__((always_inline)) int turn(void) {
     if (!step()) return 0;
     retired++;
     return 1;
 }
 
-static int serve(void) {
+static inline int serve(void) {
     if (pc != mcount_at && pc != moncontrol_at) return 0;
     if (pc == mcount_at) count_call(x[10], x[1]); else on = x[10] != 0;
     u32 next = x[1] & ~1u;
