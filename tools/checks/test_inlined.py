@@ -33,6 +33,9 @@ class Inlined(unittest.TestCase):
         listing = LISTING.replace("Run::call", "Run::instruct")
         self.assertEqual(inlined.standing(listing), ["prof_machine::runs::Run::instruct"])
 
+    def test_a_name_in_quotes_is_found(self):
+        self.assertEqual(inlined.standing('0000000000001000 t "rv_decode::decoder::decode"\n'), ["rv_decode::decoder::decode"])
+
     def test_what_is_told_of_no_symbols(self):
         self.assertEqual(inlined.symbols_in(""), set())
 
