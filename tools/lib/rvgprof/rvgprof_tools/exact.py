@@ -2,6 +2,7 @@
 
 import collections
 import os
+import re
 import subprocess
 import tempfile
 
@@ -13,6 +14,8 @@ from .stacks import lines_of_run, stacks_in
 HOOKS = (b"_mcount", b"moncontrol")
 # So seldom that the run takes no sample that matters: executions and calls are counted at each instruction anyway.
 SELDOM = str(2**31 - 1)
+# The end line of a run: how it ended.
+ENDING = re.compile(rb"rvgprof: (exit \d+|budget|trap [a-z-]+ at [0-9a-f]{8}) after [^\n]*\n\Z")
 
 
 def counted(elf, options):
@@ -27,6 +30,19 @@ def counted(elf, options):
                 passed_over(run.stdout)
             look_at(run.returncode)
         return profiled(elf, [profile]), printed
+
+
+def broken_off(name, options):
+    """How a run of a program ends, if by a trap or at its budget; or nothing. A file of stacks doesn't say it."""
+    if name == "-" or not is_program(name):
+        return None
+    with tempfile.TemporaryFile() as errors:
+        with started([program(), "run", operand(name), "/dev/null", "--every", SELDOM, *options], errors) as run:
+            passed_over(run.stdout)
+        look_at(run.returncode)
+        errors.seek(max(0, errors.seek(0, os.SEEK_END) - 4096))
+        ending = ENDING.search(errors.read())
+    return None if ending is None or ending[1].startswith(b"exit") else ending[1]
 
 
 def is_program(name):

@@ -5,7 +5,7 @@ ROW = "`0 samples`"
 
 def find(known):
     count = known.end.instructions
-    if known.end.samples:
+    if known.end.samples or known.end.trap:
         return
     if count >= known.every:
         yield f"0 samples, though {count} instructions were executed", "profiling was off: moncontrol(1) switches it on"
