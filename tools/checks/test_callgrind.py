@@ -19,6 +19,7 @@ class Costs(unittest.TestCase):
     def test_each_edge_has_a_call(self):
         self.assertEqual(callgrind.each_called([[9, 1], [0, 0]]), [[8, 1], [1, 0]])
         self.assertEqual(callgrind.each_called([[1], [0]]), [[1], [1]])
+        self.assertEqual(callgrind.each_called([[1, 1], [0, 0]]), [[0, 1], [1, 0]])
 
     def test_lines_of_a_file(self):
         f, g = callgrind.Part("f", 0, [(0, 8)], [(4, 1, 2, 4)]), callgrind.Part("f 10", 16, [(16, 4)], [])

@@ -95,7 +95,7 @@ class Stacks(unittest.TestCase):
     def test_a_second_time_has_a_node_of_its_own(self):
         flow = exact.Levels([([b"f", b"f", b"f", b"g"], 2)])
         f, again, g = (b"f", 1), (b"f", 2), (b"g", 1)
-        self.assertEqual((flow.own, flow.below), ({g: 2}, {(f, again): 2, (again, g): 2}))
+        self.assertEqual((flow.own, flow.below), ({g: 2}, {(f, again): 2, (again, again): 0, (again, g): 2}))
         self.assertEqual(flow.nodes(), {f, again, g})
 
     def test_lines(self):

@@ -103,7 +103,7 @@ class Levels:
     """What whole stacks say where a function that comes again on one is told apart: (name, 1) is a function the first time,
     and (name, 2) from the second time on. `below` a call are the stacks in which it reaches its callee the first time, or
     the second one, or in which its caller is there the first time. So what its whole stacks hold is both what comes into a
-    function and its own with what goes out of it. Later calls add nothing."""
+    function and its own with what goes out of it. Later calls are there, with nothing below them."""
 
     def __init__(self, stacks):
         self.own, self.below = collections.Counter(), collections.Counter()
@@ -115,8 +115,8 @@ class Levels:
         for name in stack:
             times[name] += 1
             node = name, min(times[name], 2)
-            if before is not None and (times[name] <= 2 or before[1] == 1):
-                self.below[before, node] += instructions
+            if before is not None:
+                self.below[before, node] += instructions if times[name] <= 2 or before[1] == 1 else 0
             before = node
         self.own[before] += instructions
 
