@@ -197,6 +197,20 @@ WEAKENED = [
     ("call_cycles/specs/Flow.antt", r"\nabbrev pub IsClosed", "\nmodule _ (no : ⊥) where\n  abbrev pub IsClosed"),
     ("rvgprof/src/top.rt", r"#\[tactic\(auto\)\]\npub fn rvgprof", "#[trusted]\npub fn rvgprof"),
     ("folder_system/src/system.rt", r"    fn close\(&mut self", "    #[trusted]\n    fn close(&mut self"),
+    ("rvgprof/src/top.rt", r"pub fn rvgprof<H: Host>", "pub fn rvgprof<H: Host + Mute>"),
+    ("host_port/src/host.rt", r"pub trait Host \{", "pub trait Host: Mute {"),
+    ("system_host/src/host.rt", r"impl<S: System> Host for", "impl<S: System + Mute> Host for"),
+    ("rvgprof/src/top.rt", r"use host_port::Host;", "use std::fmt::Debug as Host;"),
+    ("host_port/src/mem_host.rt", r"        ensures \{ result ≡ empty_memory \}\n", ""),
+    ("folder_system/src/mem_folder.rt", r"ghost history = \{ .*? \};", "ghost history = { λ f. [] };"),
+]
+# Imports that leave a word without a meaning that can be read: the file, what is looked for, and what takes its place.
+LOST = [
+    ("rvgprof/specs/Headline.antt", r"use Rattle.rvgprof.specs.Texts.\{", "use Rattle.rvgprof.proofs.Texts.{"),
+    ("rvgprof/specs/Headline.antt", r"use Rattle.rvgprof.specs.Texts.\{", "use Rattle.rvgprof.specs.Others.{"),
+    ("rvgprof/specs/Headline.antt", r"use Rattle.rvgprof.specs.Texts.\{", "use Rattle.rvgprof.specs.Texts hiding {"),
+    ("rvgprof/src/top.rt", r"use host_port::Host;", "use host_port::*;"),
+    ("host_port/src/lib.rt", r"pub use host::\{Failed, Host\};", "pub use host::Failed;\npub use whole_file::TakesPieces as Host;"),
 ]
 # Changes that say no less.
 SAME = [
@@ -215,19 +229,29 @@ SAME = [
 class Crates(unittest.TestCase):
     FILES = theorem_sources.all_files()
 
-    def texts(self, name, pattern, new):
-        """The text, and that of the crates with another file."""
+    def weakened(self, name, pattern, new):
+        """The theorem of the crates with another file."""
         old = (theorem_sources.CRATES / name).read_text()
         text = re.sub(pattern, new, old, count=1, flags=re.S)
-        self.assertNotEqual(text, old, f"{name} lacks {pattern}")
+        self.assertTrue(text != old, f"{name} lacks {pattern}")
         key, file = theorem_sources.file_of(name, text)
-        return theorem_text.text_of(theorem.Theorem({**self.FILES, key: file}))
+        return theorem.Theorem({**self.FILES, key: file})
+
+    def texts(self, *row):
+        """The text of the crates with another file."""
+        return theorem_text.text_of(self.weakened(*row))
 
     def test_what_says_less_is_seen(self):
         text = theorem_text.text_of(theorem.Theorem(self.FILES))
         for row in WEAKENED:
             with self.subTest(row[0], of=row[1]):
                 self.assertTrue(self.texts(*row) != text)
+
+    def test_what_cannot_be_read_is_lost(self):
+        self.assertEqual(theorem.Theorem(self.FILES).lost, set())
+        for row in LOST:
+            with self.subTest(row[0], of=row[2]):
+                self.assertTrue(self.weakened(*row).lost)
 
     def test_what_says_the_same_is_passed_over(self):
         text = theorem_text.text_of(theorem.Theorem(self.FILES))
