@@ -24,7 +24,7 @@ def words():
             found.update(re.findall(r"\w+", path.read_text()), path.relative_to(CRATES).parts, [path.stem])
     for path in [*(TOP / "tools").rglob("*"), *(TOP / "docs").iterdir()]:
         found.update([path.name, path.stem])
-        if path.is_file() and "tools" in path.parts:
+        if path.is_file() and "tools" in path.parts and not path.name.startswith("test_"):
             found.update(re.findall(r"\w+", path.read_text(errors="replace")))
     for path in CRATES.glob("*/data/*"):
         found.update([path.name])

@@ -10,7 +10,7 @@ class Names(unittest.TestCase):
         return [line for line in claims.missing(text) if " names " in line]
 
     def test_what_is_not_there_is_seen(self):
-        self.assertEqual(self.named("`rvgprof::laws::completeness` and `HeadlineHolds`"), [])
+        self.assertEqual(self.named("`rvgprof::laws::completeness` and `Headline`"), [])
         self.assertEqual(len(self.named("`rvgprof::laws::completedness`")), 1)
 
     def test_an_edit_that_is_not_named_is_seen(self):
